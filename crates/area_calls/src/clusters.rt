@@ -9,21 +9,16 @@ use net_extract::{ContactGroup, ContactPiece, Nets, Piece};
 use row_tables::Case;
 use via_clusters::clusters;
 
-/// Compares the rectangles of via clusters, from the left, or how many there are.
-fn expect_boxes(case: &mut Case<'_>, boxes: &[Rect]) {
-    if case.has("count") {
-        case.expect("count", boxes.len());
-    } else {
-        case.expect_sorted_rects("boxes", boxes);
-    }
-}
-
-/// The rectangles of the via clusters of a cut.
+/// The rectangles of the via clusters of a cut, from the left, or how many there are.
 pub fn boxes(case: &mut Case<'_>, nets: &Nets)
     requires { length nets.now.contacts ≡ 1 }
 {
     let boxes = case.list(clusters(case.alloc, nets, 0));
-    expect_boxes(case, boxes.as_slice());
+    if case.has("count") {
+        case.expect("count", boxes.len());
+    } else {
+        case.expect_sorted_rects("boxes", boxes.as_slice());
+    }
 }
 
 /// The rectangles of the group that carries the islands with these numbers, if there is one.
@@ -62,31 +57,19 @@ fn count_others(pieces: &[Piece], others: &[Piece]) -> usize {
     count
 }
 
-/// How many contact pieces the first group has.
-fn count_first(groups: &[ContactGroup]) -> usize {
-    match groups.first() {
-        Some(group) => group.rects.as_slice().len(),
-        None => 0,
+/// Compares the counts with the bounds at the key, if the row has the key: a count that is past its bound comes in place of it. No
+/// count is greater than its bound if the bounds are the most, or else less.
+fn expect_bounds<'a>(case: &mut Case<'a>, key: &'a str, counts: &[usize], are_most: bool) {
+    if !case.has(key) {
+        return;
     }
-}
-
-/// Puts each count in place of its bound that is past it.
-fn put_past(bounds: &mut [usize], counts: &[usize], are_most: bool) {
-    for (bound, count) in bounds.iter_mut().zip(counts) {
-        if (are_most && *count > *bound) || (!are_most && *count < *bound) {
+    let mut bounds = case.numbers(key);
+    for (bound, count) in bounds.as_mut_slice().iter_mut().zip(counts) {
+        if (*count > *bound) == are_most {
             *bound = *count;
         }
     }
-}
-
-/// Compares the counts with the bounds at the key, if the row has the key. No count is greater than its bound at `most`, or else
-/// less than its bound.
-fn expect_bounds<'a>(case: &mut Case<'a>, key: &'a str, counts: &[usize]) {
-    if case.has(key) {
-        let mut bounds = case.numbers(key);
-        put_past(bounds.as_mut_slice(), counts, key == "most");
-        case.expect_list(key, bounds.as_slice());
-    }
+    case.expect_list(key, bounds.as_slice());
 }
 
 /// How many pieces, contact pieces and contacts of the first group there are, how many groups, and how many pieces of the lower metal
@@ -98,14 +81,13 @@ pub fn pieces(
     lower: &[Piece],
     upper: &[Piece],
 ) {
-    let counts = [
-        lower.len(),
-        upper.len(),
-        contacts.len(),
-        count_first(groups),
-    ];
+    let first = match groups.first() {
+        Some(group) => group.rects.as_slice().len(),
+        None => 0,
+    };
+    let counts = [lower.len(), upper.len(), contacts.len(), first];
     case.expect_if_wanted("groups", groups.len());
     case.expect_if_wanted("others", count_others(lower, upper));
-    expect_bounds(case, "most", &counts);
-    expect_bounds(case, "least", &counts);
+    expect_bounds(case, "most", &counts, true);
+    expect_bounds(case, "least", &counts, false);
 }

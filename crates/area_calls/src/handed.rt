@@ -7,8 +7,7 @@ use crate::names::{expect_letters, numbers_at};
 use fault_model::{Island, Spot};
 use geo_core::{Cell, Rect};
 use net_extract::{Anchor, Nets, Piece};
-use row_tables::{Case, rects_of};
-use std::alloc::Global;
+use row_tables::Case;
 
 /// A letter for the net of each of so many metals, on which there is one island each.
 pub fn chain(case: &mut Case<'_>, nets: &Nets, metals: u32)
@@ -23,28 +22,24 @@ pub fn chain(case: &mut Case<'_>, nets: &Nets, metals: u32)
     expect_letters(case, "nets", numbers.as_slice());
 }
 
-/// Whether a spot whose list begins with this number has exactly the cells of the rectangles.
-fn has_spot(spots: &[Spot], lists: &[Vec<i32>], part: i32, rects: &[Rect]) -> bool {
+/// Whether a spot that stands as the wanted one does has exactly its cells. Spots that begin with the same number may come in any
+/// order.
+fn is_there(case: &mut Case<'_>, spots: &[Spot], lists: &[Vec<i32>], wanted: &[i32]) -> bool {
+    let rects = case.rects_in("spots", wanted.get(1..).unwrap_or_default());
     for (spot, list) in spots.iter().zip(lists) {
-        if list.first() == Some(&part) && have_same_cells(spot.rects.as_slice(), rects) {
+        if list.first() == wanted.first()
+            && have_same_cells(spot.rects.as_slice(), rects.as_slice())
+        {
             return true;
         }
     }
     false
 }
 
-/// Whether a spot that stands as the wanted one does has exactly its cells. Spots that begin with the same number may come in any
-/// order.
-fn is_there(alloc: Global, spots: &[Spot], lists: &[Vec<i32>], wanted: &[i32]) -> Option<bool> {
-    let (part, sides) = wanted.split_first()?;
-    let rects = rects_of(alloc, sides)?;
-    Some(has_spot(spots, lists, *part, rects.as_slice()))
-}
-
 /// Compares the spots of an island with those of these lists.
 fn expect_spots(case: &mut Case<'_>, spots: &[Spot], lists: &[Vec<i32>]) {
     for wanted in lists {
-        if is_there(case.alloc, spots, lists, wanted.as_slice()) != Some(true) {
+        if !is_there(case, spots, lists, wanted.as_slice()) {
             case.note("spots", "one is not there");
         }
     }

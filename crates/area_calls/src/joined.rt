@@ -13,23 +13,19 @@ fn are_fewer(rects: &[Rect], before: &[Rect]) -> bool {
         && have_same_cells(rects, before)
 }
 
-/// Compares joined rectangles: from the left one by one, or how many they are, or whether they are fewer with the same cells.
-fn expect_joined(case: &mut Case<'_>, rects: &[Rect]) {
-    if case.has("joined") {
-        case.expect_sorted_rects("joined", rects);
-    } else if case.has("count") {
-        case.expect("count", rects.len());
-    } else {
-        let before = case.rects("rects");
-        case.expect("fewer", are_fewer(rects, before.as_slice()));
-    }
-}
-
-/// The rectangles to which others without common cells are joined.
+/// The rectangles to which others without common cells are joined: from the left one by one, or how many they are, or whether they are
+/// fewer with the same cells.
 pub fn rects(case: &mut Case<'_>) {
     let rects = case.rects("rects");
     let joined = case.list(joined(case.alloc, rects));
-    expect_joined(case, joined.as_slice());
+    if case.has("joined") {
+        case.expect_sorted_rects("joined", joined.as_slice());
+    } else if case.has("count") {
+        case.expect("count", joined.len());
+    } else {
+        let before = case.rects("rects");
+        case.expect("fewer", are_fewer(joined.as_slice(), before.as_slice()));
+    }
 }
 
 /// How long a list gets that is joined now and then while rectangles are added to it, and how many are left at last.

@@ -2,12 +2,10 @@
 
 use crate::cells::distance;
 use geo_core::{Cell, Labelled};
-use lists::NoMemory;
 use near_index::{Near, NearIndex, Nearest};
 use net_numbers::{first_cells, numbered};
 use net_pairs::pair_areas;
 use row_tables::{Case, rect_of};
-use std::alloc::Global;
 
 /// The label that a row writes so: a number below 0 is counted back from the greatest label, which is -1.
 fn label_of(number: i32) -> usize {
@@ -28,10 +26,8 @@ fn number_of(label: usize) -> i64 {
 
 /// The piece with these numbers: its label and its sides.
 fn piece_of(numbers: &[i32]) -> Option<Labelled> {
-    let [label, left, bottom, right, top] = numbers else {
-        return None;
-    };
-    let rect = rect_of(*left, *bottom, *right, *top)?;
+    let (label, sides) = numbers.split_first()?;
+    let rect = rect_of(sides)?;
     let label = label_of(*label);
     Some(Labelled { rect, label })
 }
@@ -49,32 +45,20 @@ pub fn pieces(case: &mut Case<'_>) -> Vec<Labelled> {
     pieces
 }
 
-/// The sum of the areas.
-fn sum_of(areas: &[(usize, usize, u64)]) -> u64 {
-    let mut sum: u64 = 0;
-    for (_, _, cells) in areas {
-        sum = sum.saturating_add(*cells);
-    }
-    sum
-}
-
-/// Compares the areas one by one.
-fn expect_each(case: &mut Case<'_>, areas: &[(usize, usize, u64)]) {
+/// Compares the areas one by one, or how many there are and their sum.
+fn expect_areas(case: &mut Case<'_>, areas: &[(usize, usize, u64)]) {
     let mut lists = Vec::new(case.alloc);
+    let mut sum: i64 = 0;
     for (one, other, cells) in areas {
         let cells = i64::try_from(*cells).unwrap_or(i64::MAX);
+        sum = sum.saturating_add(cells);
         case.push(&mut lists, [number_of(*one), number_of(*other), cells]);
     }
-    case.expect_list("areas", lists.as_slice());
-}
-
-/// Compares the areas, or how many there are and their sum.
-fn expect_areas(case: &mut Case<'_>, areas: &[(usize, usize, u64)]) {
     if case.has("sum") {
         case.expect("count", areas.len());
-        case.expect("sum", sum_of(areas));
+        case.expect("sum", sum);
     } else {
-        expect_each(case, areas);
+        case.expect_list("areas", lists.as_slice());
     }
 }
 
@@ -96,17 +80,14 @@ fn expect_near<'a>(case: &mut Case<'a>, key: &'a str, near: Option<Near>) {
     }
 }
 
-/// The two labels of the pieces that are nearest to the cell, which an index of them finds.
-fn nearest_of(alloc: Global, pieces: &[Labelled], cell: Cell) -> Result<Nearest, NoMemory> {
-    let index = NearIndex::new(alloc, pieces)?;
-    index.two_nearest(cell)
-}
-
-/// The distances and the labels of the two labels that are nearest to the cell.
+/// The distances and the labels of the two labels that are nearest to the cell, which an index of the pieces finds.
 pub fn nearest(case: &mut Case<'_>) {
     let cell = case.cell("cell");
     let pieces = pieces(case);
-    match nearest_of(case.alloc, pieces.as_slice(), cell) {
+    let Ok(index) = NearIndex::new(case.alloc, pieces.as_slice()) else {
+        return case.no_memory();
+    };
+    match index.two_nearest(cell) {
         Ok(nearest) => {
             expect_near(case, "first", nearest.first);
             expect_near(case, "second", nearest.second);
@@ -177,16 +158,6 @@ pub fn nearest_at(case: &mut Case<'_>) {
     }
 }
 
-/// Whether the pieces have the same rectangles.
-fn have_same_rects(pieces: &[Labelled], others: &[Labelled]) -> bool {
-    for (piece, other) in pieces.iter().zip(others) {
-        if piece.rect != other.rect {
-            return false;
-        }
-    }
-    pieces.len() == others.len()
-}
-
 /// Compares the labels of the pieces.
 pub fn expect_labels<'a>(case: &mut Case<'a>, key: &'a str, pieces: &[Labelled]) {
     let mut labels = Vec::new(case.alloc);
@@ -209,8 +180,10 @@ fn expect_first_cells(case: &mut Case<'_>, cells: &[Cell]) {
 pub fn numbers(case: &mut Case<'_>) {
     let pieces = pieces(case);
     let found = case.list(numbered(case.alloc, pieces.as_slice()));
-    if !have_same_rects(found.as_slice(), pieces.as_slice()) {
-        case.note("numbers", "the rectangles are others");
+    for (found, piece) in found.as_slice().iter().zip(pieces.as_slice()) {
+        if found.rect != piece.rect {
+            case.note("numbers", "a rectangle is another");
+        }
     }
     expect_labels(case, "numbers", found.as_slice());
     let cells = case.list(first_cells(case.alloc, pieces.as_slice()));

@@ -7,9 +7,8 @@ use crate::{maps, nets};
 use geo_core::RectList;
 use layer_map::read_map;
 use map_model::{Layers, Map};
-use row_tables::{Case, rects_of};
+use row_tables::{Case, Text};
 use samples::sides::are_near;
-use std::alloc::{AllocError, Global};
 
 /// Two metals and a cut between them.
 const METALS: &str = "version = 1\nradii = [1]\nweights = [1]\n\
@@ -17,39 +16,29 @@ const METALS: &str = "version = 1\nradii = [1]\nweights = [1]\n\
     [[metal]]\nname = \"m1\"\npairs = [[3, 0]]\n\
     [[cut]]\nname = \"v1\"\npairs = [[2, 0]]\nlower = \"m0\"\nupper = \"m1\"\n";
 
-/// Appends terminals to the text of a map: the metal, the column and the row of each.
-fn add_terminals(text: &mut String, terminals: &[i32]) -> Result<(), AllocError> {
-    for terminal in terminals.chunks(3) {
+/// Appends the terminals of a row to the text of a map, if it has some: the metal, the column and the row of each.
+fn add_terminals(case: &mut Case<'_>, text: &mut Text) {
+    if !case.has("terminals") {
+        return;
+    }
+    for terminal in case.flat("terminals", 3).as_slice().chunks(3) {
         if let [metal, x, y] = terminal {
-            write!(
-                text,
-                "[[terminal]]\nmetal = \"m{metal}\"\nx = {x}\ny = {y}\n"
-            )?;
+            text.print(format_args!("[[terminal]]\nmetal = \"m{metal}\"\nx = {x}\ny = {y}\n"));
         }
     }
-    Ok(())
-}
-
-/// The text of a map with the terminals of a row, if it has some.
-fn text_of(case: &mut Case<'_>, map: &str) -> String {
-    let mut text = case.done(String::from_str(case.alloc, map), String::new(case.alloc));
-    if case.has("terminals") {
-        let terminals = case.flat("terminals", 3);
-        case.kept(add_terminals(&mut text, terminals.as_slice()));
-    }
-    text
 }
 
 /// The map that a row names, or else the two metals and the cut, with the row's terminals.
 fn map_of(case: &mut Case<'_>) -> Option<Map> {
-    let map = if case.has("map") {
+    let mut text = Text::new(case.alloc);
+    if case.has("map") {
         case.share("map");
-        case.text("text")
+        text.say(case.text("text"));
     } else {
-        METALS
-    };
-    let text = text_of(case, map);
-    read_map(case.alloc, text.as_bytes()).ok()
+        text.say(METALS);
+    }
+    add_terminals(case, &mut text);
+    read_map(case.alloc, text.shown().as_bytes()).ok()
 }
 
 /// The rectangles of a row on the lower metal, on the upper metal and on the cut, where it has some.
@@ -64,25 +53,16 @@ fn add_layers(case: &mut Case<'_>, lists: &mut Vec<RectList>) {
     }
 }
 
-/// Appends the rectangles of each layer, which are four numbers each.
-fn add_lists(alloc: Global, lists: &mut Vec<RectList>, layers: &[Vec<i32>]) -> Option<()> {
-    for numbers in layers {
-        let rects = rects_of(alloc, numbers.as_slice())?;
-        lists.push(RectList::from_vec(rects)).ok()?;
-    }
-    Some(())
-}
-
-/// The rectangles of a row on each layer.
+/// The rectangles of a row on each layer, which are four numbers each.
 fn lists_of(case: &mut Case<'_>) -> Vec<RectList> {
     let mut lists = Vec::new(case.alloc);
-    if case.has("layers") {
-        let layers = case.number_lists("layers");
-        if add_lists(case.alloc, &mut lists, layers.as_slice()).is_none() {
-            case.note("layers", "not lists of rectangles");
-        }
-    } else {
+    if !case.has("layers") {
         add_layers(case, &mut lists);
+        return lists;
+    }
+    for numbers in case.number_lists("layers").as_slice() {
+        let rects = case.rects_in("layers", numbers.as_slice());
+        case.push(&mut lists, RectList::from_vec(rects));
     }
     lists
 }
@@ -114,24 +94,16 @@ fn layers_of(lists: Vec<RectList>, map: &Map) -> Option<Layers>
 }
 
 /// Checks a row on a map and on its layers.
-fn check_layers(case: &mut Case<'_>, map: &Map, layers: &Layers)
-    requires one_each { length layers.now.lists.items ≡ length map.now.metals + length map.now.cuts }
-    requires within { All (All IsInLayout) layers.now.lists.items }
-{
-    match case.kind {
-        "layout_pairs" => maps::pairs(case, map, layers),
-        "probe" => maps::near(case, map, layers),
-        "region" => maps::region(case, map, layers),
-        _ => nets::check(case, map, layers),
-    }
-}
-
-/// Checks a row on a map.
-fn check_map(case: &mut Case<'_>, map: &Map) {
+fn check_layers(case: &mut Case<'_>, map: &Map) {
     let lists = lists_of(case);
-    match layers_of(lists, map) {
-        Some(layers) => check_layers(case, map, &layers),
-        None => case.note("layers", "not one in a layout for each layer of the map"),
+    let Some(layers) = layers_of(lists, map) else {
+        return case.note("layers", "not one in a layout for each layer of the map");
+    };
+    match case.kind {
+        "layout_pairs" => maps::pairs(case, map, &layers),
+        "probe" => maps::near(case, map, &layers),
+        "region" => maps::region(case, map, &layers),
+        _ => nets::check(case, map, &layers),
     }
 }
 
@@ -139,7 +111,7 @@ fn check_map(case: &mut Case<'_>, map: &Map) {
 pub fn check(case: &mut Case<'_>) {
     case.share("drawn");
     match map_of(case) {
-        Some(map) => check_map(case, &map),
+        Some(map) => check_layers(case, &map),
         None => case.note("map", "not a map with these terminals"),
     }
 }

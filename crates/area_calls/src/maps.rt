@@ -22,19 +22,13 @@ fn expect_refused(case: &mut Case<'_>, fault: NetFault) {
     }
 }
 
-/// Compares the names of the metals.
-fn expect_names(case: &mut Case<'_>, metals: &[MetalPairs]) {
-    let mut names = Vec::new(case.alloc);
-    for metal in metals {
-        case.push(&mut names, metal.layer.as_str());
-    }
-    case.expect_list("metals", names.as_slice());
-}
-
-/// Compares the pairs: the place of the metal, the lesser number of a net, the greater one and the number of cells.
+/// Compares the names of the metals and the pairs: the place of the metal, the lesser number of a net, the greater one and the number
+/// of cells.
 fn expect_tables(case: &mut Case<'_>, metals: &[MetalPairs]) {
+    let mut names = Vec::new(case.alloc);
     let mut lists = Vec::new(case.alloc);
     for (place, metal) in metals.iter().enumerate() {
+        case.push(&mut names, metal.layer.as_str());
         for (one, other, cells) in metal.pairs.as_slice() {
             case.push(
                 &mut lists,
@@ -42,6 +36,7 @@ fn expect_tables(case: &mut Case<'_>, metals: &[MetalPairs]) {
             );
         }
     }
+    case.expect_list("metals", names.as_slice());
     case.expect_list("pairs", lists.as_slice());
 }
 
@@ -57,7 +52,6 @@ pub fn pairs(case: &mut Case<'_>, map: &Map, layers: &Layers)
     match pair_tables(case.alloc, map, layers, number) {
         Ok(tables) => {
             case.expect("size", tables.size);
-            expect_names(case, tables.metals.as_slice());
             expect_tables(case, tables.metals.as_slice());
         }
         Err(fault) => expect_refused(case, fault),
@@ -69,8 +63,7 @@ const BEFORE: &[u8] = b"before\n";
 
 /// Compares the lines of a probe, after what stands there before.
 fn expect_lines(case: &mut Case<'_>, told: &[MetalNear]) {
-    let mut text = Vec::new(case.alloc);
-    case.kept(text.extend_from_slice(BEFORE));
+    let mut text = case.list(Vec::from_slice(case.alloc, BEFORE));
     case.kept(write_probe(told, &mut text));
     match text.as_slice().strip_prefix(BEFORE) {
         Some(lines) => case.expect_text("lines", std::str::from_utf8(lines).unwrap_or("")),

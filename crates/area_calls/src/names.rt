@@ -3,8 +3,7 @@
 use crate::cells::{expect_cells, has};
 use geo_core::{Cell, Rect};
 use net_extract::{ContactPiece, Piece};
-use row_tables::Case;
-use std::alloc::{AllocError, Global};
+use row_tables::{Case, Text};
 
 /// The island and the net of the cell, if a piece has it.
 pub fn numbers_at(pieces: &[Piece], cell: Cell) -> Option<(usize, usize)> {
@@ -28,30 +27,22 @@ fn first_equal(things: &[(usize, usize)], thing: (usize, usize)) -> usize {
     place
 }
 
-/// A letter for each thing: the same as that of the first one that is equal.
-fn letters(alloc: Global, things: &[(usize, usize)]) -> Result<String, AllocError> {
-    let mut letters = String::new(alloc);
+/// Compares the letters of the things: each has that of the first one that is equal.
+pub fn expect_letters<'a>(case: &mut Case<'a>, key: &'a str, things: &[(usize, usize)]) {
+    let mut letters = Text::new(case.alloc);
     let mut next = b'a';
     for thing in things {
         let first = first_equal(things, *thing);
-        let letter = match letters.as_bytes().get(first) {
+        let letter = match letters.shown().as_bytes().get(first) {
             Some(letter) => *letter,
             None => next,
         };
         if letter == next {
             next = next.saturating_add(1);
         }
-        letters.push(char::from(letter))?;
+        letters.print(char::from(letter));
     }
-    Ok(letters)
-}
-
-/// Compares the letters of the things.
-pub fn expect_letters<'a>(case: &mut Case<'a>, key: &'a str, things: &[(usize, usize)]) {
-    match letters(case.alloc, things) {
-        Ok(letters) => case.expect_text(key, letters.as_str()),
-        Err(_) => case.no_memory(),
-    }
+    case.expect_text(key, letters.shown());
 }
 
 /// Appends a metal and the lower left cell of each of the rectangles on it.

@@ -5,7 +5,7 @@ ghost use Rattle.std.specs.Prelude.{◌≡◌, ◌+◌, length};
 use crate::{clusters, handed, names, opens, spotted};
 use fault_model::Island;
 use map_model::{Layers, Map};
-use net_extract::{NetFault, Nets, extract};
+use net_extract::{Nets, extract};
 use row_tables::Case;
 
 /// The islands of all metals that have two terminals or more, once or as many times as the row says. If the row has spots, the last
@@ -31,14 +31,6 @@ fn islands_of(case: &mut Case<'_>, nets: &Nets) -> Vec<Island>
     islands
 }
 
-/// Checks a row on the islands of two metals.
-fn check_islands(case: &mut Case<'_>, nets: &Nets)
-    requires { length nets.now.pieces ≡ 2 }
-{
-    let islands = islands_of(case, nets);
-    opens::check(case, islands.as_slice());
-}
-
 /// Checks a row on the nets of two metals and a cut between them.
 fn check_two(case: &mut Case<'_>, nets: &Nets)
     requires metals { length nets.now.pieces ≡ 2 }
@@ -55,7 +47,10 @@ fn check_two(case: &mut Case<'_>, nets: &Nets)
         "net_fault" => case.expect_list("fault", &[0, 0]),
         "nets" => names::names(case, contacts, &[lower, upper]),
         "pieces" => clusters::pieces(case, groups, contacts, lower, upper),
-        _ => check_islands(case, nets),
+        _ => {
+            let islands = islands_of(case, nets);
+            opens::check(case, islands.as_slice());
+        }
     }
 }
 
@@ -72,13 +67,8 @@ fn check_nets(case: &mut Case<'_>, nets: &Nets, metals: u32, cuts: usize)
     }
 }
 
-/// Compares the number and the place of the fault of the shapes and terminals of a row, and what the fault says.
-fn expect_fault(case: &mut Case<'_>, fault: NetFault) {
-    case.expect_list("fault", &[u64::from(fault.number()), fault.place()]);
-    case.expect("says", fault);
-}
-
-/// Checks a row on the nets of layers.
+/// Checks a row on the nets of layers, or compares the number and the place of the fault of its shapes and terminals, and what the fault
+/// says.
 pub fn check(case: &mut Case<'_>, map: &Map, layers: &Layers)
     requires { length layers.now.lists.items ≡ length map.now.metals + length map.now.cuts }
 {
@@ -86,6 +76,9 @@ pub fn check(case: &mut Case<'_>, map: &Map, layers: &Layers)
     let cuts = map.cuts.as_slice().len();
     match extract(case.alloc, layers, map) {
         Ok(nets) => check_nets(case, &nets, metals, cuts),
-        Err(fault) => expect_fault(case, fault),
+        Err(fault) => {
+            case.expect_list("fault", &[u64::from(fault.number()), fault.place()]);
+            case.expect("says", fault);
+        }
     }
 }

@@ -13,13 +13,6 @@ use row_tables::Case;
 use samples::sides::are_near;
 use union_area::union_area;
 
-/// From how many cells of the window a defect parts two terminals.
-fn area(case: &mut Case<'_>, islands: &[Island]) {
-    let side = case.side();
-    let window = case.rect("window");
-    case.expect_done("area", open_area(case.alloc, islands, window, side));
-}
-
 /// What became of a count of searches.
 fn searches_from(before: u64, after: u64) -> &'static str {
     if after == before {
@@ -32,9 +25,10 @@ fn searches_from(before: u64, after: u64) -> &'static str {
 }
 
 /// The area of opens, with searches that are counted from `before`, which are more or stay as they are. The greatest count stays.
-fn counted_area(case: &mut Case<'_>, islands: &[Island]) {
-    let side = case.side();
-    let window = case.rect("window");
+fn counted_area(case: &mut Case<'_>, islands: &[Island], window: Rect, side: u32)
+    requires some { 1 ≤ side }
+    requires few { side ≤ GREATEST_SIDE }
+{
     for before in [0, 7, u64::MAX - 1, u64::MAX] {
         let mut after = before;
         let area = open_area_counted(case.alloc, islands, window, side, &mut after);
@@ -47,23 +41,29 @@ fn counted_area(case: &mut Case<'_>, islands: &[Island]) {
     }
 }
 
-/// Compares how many of the cells lie in each part of a row.
-fn expect_counts(case: &mut Case<'_>, cells: &[Rect]) {
+/// At which cells of the window a defect parts two terminals: how many there are in each part of a row.
+fn cells(case: &mut Case<'_>, islands: &[Island], window: Rect, side: u32)
+    requires some { 1 ≤ side }
+    requires few { side ≤ GREATEST_SIDE }
+{
+    let cells = case.list(open_cells(case.alloc, islands, window, side));
     let mut counts = Vec::new(case.alloc);
     for part in case.rects("parts").as_slice() {
-        let count = case.done(union_area(case.alloc, cells, *part), 0);
+        let count = case.done(union_area(case.alloc, cells.as_slice(), *part), 0);
         case.push(&mut counts, count);
     }
     case.expect_list("counts", counts.as_slice());
 }
 
-/// At which cells of the window a defect parts two terminals: how many there are in each part.
-fn cells(case: &mut Case<'_>, islands: &[Island]) {
+/// From how many cells of the window a defect parts two terminals, or which these cells are.
+fn in_window(case: &mut Case<'_>, islands: &[Island]) {
     let side = case.side();
     let window = case.rect("window");
-    let cells = open_cells(case.alloc, islands, window, side);
-    let cells = case.list(cells);
-    expect_counts(case, cells.as_slice());
+    match case.kind {
+        "open_area" => case.expect_done("area", open_area(case.alloc, islands, window, side)),
+        "open_cells" => cells(case, islands, window, side),
+        _ => counted_area(case, islands, window, side),
+    }
 }
 
 /// How a row says what the ring tells.
@@ -91,18 +91,6 @@ fn expect_counted(case: &mut Case<'_>, island: &Island, cell: Cell, side: u32)
     case.expect("after", searches);
 }
 
-/// What the ring round a defect tells.
-fn expect_told(case: &mut Case<'_>, island: &Island, cell: Cell, side: u32)
-    requires some { 1 ≤ side }
-    requires few { side ≤ GREATEST_SIDE }
-    requires within { All IsInLayout island.now.pieces }
-{
-    match ring(case.alloc, island, cell, side) {
-        Ok(answer) => case.expect_text("tells", told(answer)),
-        Err(_) => case.no_memory(),
-    }
-}
-
 /// Whether a defect parts two terminals of the one island, or what the ring round it tells.
 fn at_cell(case: &mut Case<'_>, islands: &[Island]) {
     let side = case.side();
@@ -115,7 +103,10 @@ fn at_cell(case: &mut Case<'_>, islands: &[Island]) {
     }
     match case.kind {
         "parted" => case.expect_done("parted", parted(case.alloc, island, cell, side)),
-        "ring" => expect_told(case, island, cell, side),
+        "ring" => {
+            let answer = case.done(ring(case.alloc, island, cell, side), RingAnswer::Many);
+            case.expect_text("tells", told(answer));
+        }
         _ => expect_counted(case, island, cell, side),
     }
 }
@@ -124,9 +115,7 @@ fn at_cell(case: &mut Case<'_>, islands: &[Island]) {
 pub fn check(case: &mut Case<'_>, islands: &[Island]) {
     match case.kind {
         "handed_out" => handed::counts(case, islands),
-        "open_area" => area(case, islands),
-        "open_area_counted" => counted_area(case, islands),
-        "open_cells" => cells(case, islands),
+        "open_area" | "open_area_counted" | "open_cells" => in_window(case, islands),
         "parted" | "parted_counted" | "ring" => at_cell(case, islands),
         "spots" => spots::field(case, islands),
         _ => case.unknown_kind(),

@@ -1,24 +1,20 @@
 //! What two rectangles have in common, and turns of points.
 
-use geo_core::{Rect, Turn, after, clip, overlaps, touches, turn_point};
+use geo_core::{Turn, after, clip, overlaps, touches, turn_point};
 use row_tables::Case;
-
-/// Compares the cells that two rectangles have in common, and whether they touch.
-fn expect_common(case: &mut Case<'_>, rect: Rect, other: Rect) {
-    let common = clip(rect, other);
-    if overlaps(rect, other) != common.is_some() {
-        case.note("common", "whether there is some is another answer");
-    }
-    case.expect("touch", touches(rect, other));
-    case.expect_rects("common", common.as_slice());
-}
 
 /// The cells that two rectangles have in common, and whether they touch, whichever of the two comes first.
 pub fn two_rects(case: &mut Case<'_>) {
     let rect = case.rect("rect");
     let other = case.rect("other");
-    expect_common(case, rect, other);
-    expect_common(case, other, rect);
+    for (rect, other) in [(rect, other), (other, rect)] {
+        let common = clip(rect, other);
+        if overlaps(rect, other) != common.is_some() {
+            case.note("common", "whether there is some is another answer");
+        }
+        case.expect("touch", touches(rect, other));
+        case.expect_rects("common", common.as_slice());
+    }
 }
 
 /// The turn at the key: 1 if it mirrors and else 0, and by how many quarters it turns after that.

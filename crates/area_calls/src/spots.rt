@@ -16,17 +16,8 @@ const FIRST: i32 = -4;
 
 const PAST_LAST: i32 = 12;
 
-/// The least sides of defects at a cell from which on something holds, or 9 if it holds at none, and nothing if it holds at a side
-/// and not at a greater one.
-#[derive(Clone, Copy)]
-struct LeastSides {
-    /// Two spots are parted.
-    parted: Option<u32>,
-    /// The metal is touched.
-    touched: Option<u32>,
-}
-
-/// The least side, once it is known whether something holds at the next lesser one.
+/// The least side of a defect from which on something holds, or 9 if it holds at none, and nothing if it holds at a side and not at a
+/// greater one: that side once it is known whether it holds at the next lesser one.
 fn with_next(least: Option<u32>, side: u32, holds: bool) -> Option<u32> {
     match least {
         Some(above) if holds && above != side.saturating_add(1) => None,
@@ -44,22 +35,21 @@ fn agrees(told: RingAnswer, parted: bool) -> bool {
     }
 }
 
-/// What defects do at the cell. For each side there is a list of the cells at which two spots are parted. Nothing is told of what is
-/// touched if a list, or what the ring tells, does not agree with what is parted.
-fn least_sides(case: &mut Case<'_>, island: &Island, lists: &[Vec<Rect>], cell: Cell) -> LeastSides
+/// The digits of the least sides of defects at the cell from which on two spots are parted, and the metal is touched. For each side
+/// there is a list of the cells at which two spots are parted. Nothing is told of what is touched if a list, or what the ring tells,
+/// does not agree with what is parted.
+fn least_sides(case: &mut Case<'_>, island: &Island, lists: &[Vec<Rect>], cell: Cell) -> [char; 2]
     requires { All IsInLayout island.now.pieces }
 {
-    let mut least = LeastSides {
-        parted: Some(9),
-        touched: Some(9),
-    };
+    let mut least_parted = Some(9);
+    let mut least_touched = Some(9);
     let mut agree = true;
     for below in 0..8 {
         let side = 8 - below;
         let parted = case.done(parted(case.alloc, island, cell, side), false);
         let told = case.done(ring(case.alloc, island, cell, side), RingAnswer::Many);
-        least.parted = with_next(least.parted, side, parted);
-        least.touched = with_next(least.touched, side, told != RingAnswer::Untouched);
+        least_parted = with_next(least_parted, side, parted);
+        least_touched = with_next(least_touched, side, told != RingAnswer::Untouched);
         let listed = match lists.get(side as usize - 1) {
             Some(list) => covers(list.as_slice(), cell),
             None => false,
@@ -67,9 +57,9 @@ fn least_sides(case: &mut Case<'_>, island: &Island, lists: &[Vec<Rect>], cell: 
         agree = agree && listed == parted && agrees(told, parted);
     }
     if !agree {
-        least.touched = None;
+        least_touched = None;
     }
-    least
+    [digit(least_parted), digit(least_touched)]
 }
 
 /// The digit of a least side.
@@ -81,39 +71,23 @@ fn digit(least: Option<u32>) -> char {
     }
 }
 
-/// Draws a row of cells: what is parted, and beside it what is touched.
-fn draw_row(picture: &mut Text, row: &[LeastSides]) {
-    for least in row {
-        picture.print(digit(least.parted));
-    }
-    picture.say(" ");
-    for least in row {
-        picture.print(digit(least.touched));
-    }
-    picture.say("\n");
-}
-
-/// Compares the picture of all cells, row by row.
-fn expect_drawn(case: &mut Case<'_>, cells: &[LeastSides]) {
-    let mut picture = Text::new(case.alloc);
-    for row in cells.chunks(16) {
-        draw_row(&mut picture, row);
-    }
-    case.expect_text("least", picture.shown());
-}
-
-/// Compares the picture of an island.
+/// Compares the picture of an island: each row of what is parted, and beside it what is touched.
 fn expect_picture(case: &mut Case<'_>, island: &Island, lists: &[Vec<Rect>])
     requires { All IsInLayout island.now.pieces }
 {
-    let mut cells = Vec::new(case.alloc);
+    let mut picture = Text::new(case.alloc);
     for j in (FIRST..PAST_LAST).rev() {
+        let mut beside = Text::new(case.alloc);
         for i in FIRST..PAST_LAST {
-            let least = least_sides(case, island, lists, Cell { i, j });
-            case.push(&mut cells, least);
+            let [parted, touched] = least_sides(case, island, lists, Cell { i, j });
+            picture.print(parted);
+            beside.print(touched);
         }
+        picture.say(" ");
+        picture.say(beside.shown());
+        picture.say("\n");
     }
-    expect_drawn(case, cells.as_slice());
+    case.expect_text("least", picture.shown());
 }
 
 /// What defects part on an island with spots, at each cell of a window.

@@ -7,49 +7,32 @@ ghost use Rattle.area_calls.specs.OnPieces.{IsOnPieces, IsSpotOnPieces};
 
 use fault_model::{Island, Spot, Spots};
 use geo_core::{Rect, RectList, clip};
-use row_tables::{Case, rects_of};
-use std::alloc::{AllocError, Global};
+use row_tables::Case;
 
-/// Adds what the rectangle has in common with each of the pieces.
-fn add_common(parts: &mut Vec<Rect>, rect: Rect, pieces: &[Rect]) -> Result<(), AllocError> {
-    for piece in pieces {
-        if let Some(part) = clip(rect, *piece) {
-            parts.push(part)?;
+/// The spot that has what the rectangles have in common with the pieces, if that is one cell at least.
+fn spot_on(case: &mut Case<'_>, rects: &[Rect], pieces: &[Rect]) -> Option<Spot> {
+    let mut parts = Vec::new(case.alloc);
+    for rect in rects {
+        for piece in pieces {
+            if let Some(part) = clip(*rect, *piece) {
+                case.push(&mut parts, part);
+            }
         }
     }
-    Ok(())
-}
-
-/// What the rectangles have in common with the pieces.
-fn common(alloc: Global, rects: &[Rect], pieces: &[Rect]) -> Result<Vec<Rect>, AllocError> {
-    let mut parts = Vec::new(alloc);
-    for rect in rects {
-        add_common(&mut parts, *rect, pieces)?;
-    }
-    Ok(parts)
-}
-
-/// The spot of these rectangles, of which there is one at least.
-fn spot_of(rects: Vec<Rect>) -> Option<Spot> {
-    if rects.is_empty() {
+    if parts.is_empty() {
         return None;
     }
     Some(Spot {
-        rects: RectList::from_vec(rects),
+        rects: RectList::from_vec(parts),
     })
-}
-
-/// The spot that has what the rectangles with these sides have of the pieces.
-fn spot_on(alloc: Global, sides: &[i32], pieces: &[Rect]) -> Option<Spot> {
-    let rects = rects_of(alloc, sides)?;
-    spot_of(common(alloc, rects.as_slice(), pieces).ok()?)
 }
 
 /// The spots of a row, each with what it has of the pieces.
 fn spots_of(case: &mut Case<'_>, pieces: &[Rect]) -> Vec<Spot> {
     let mut spots = Vec::new(case.alloc);
     for sides in case.number_lists("spots").as_slice() {
-        match spot_on(case.alloc, sides.as_slice(), pieces) {
+        let rects = case.rects_in("spots", sides.as_slice());
+        match spot_on(case, rects.as_slice(), pieces) {
             Some(spot) => case.push(&mut spots, spot),
             None => case.note("spots", "one has nothing of the metal"),
         }

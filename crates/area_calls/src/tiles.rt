@@ -3,7 +3,6 @@
 use crate::labelled::expect_labels;
 use geo_core::{Labelled, Rect};
 use row_tables::{Case, sides_of};
-use std::alloc::{AllocError, Global};
 use tile_plan::{GREATEST_EDGE, NearIndex, TilePlan, near, plan};
 
 /// The plan of the window of a row for its edge.
@@ -17,23 +16,15 @@ fn plan_of(case: &mut Case<'_>) -> TilePlan {
     plan(window, edge)
 }
 
-/// The tiles with these numbers, without those that the plan does not have.
-fn tiles_of(alloc: Global, plan: &TilePlan, numbers: &[u64]) -> Result<Vec<Rect>, AllocError> {
-    let mut tiles = Vec::new(alloc);
-    for number in numbers {
-        if *number < plan.count() {
-            tiles.push(plan.tile(*number))?;
-        }
-    }
-    Ok(tiles)
-}
-
-/// The plan of a window for a given edge, and some of its tiles.
+/// The plan of a window for a given edge, and those of its tiles that have these numbers.
 pub fn plans(case: &mut Case<'_>) {
     let plan = plan_of(case);
-    let numbers = case.numbers("numbers");
-    let tiles = tiles_of(case.alloc, &plan, numbers.as_slice());
-    let tiles = case.list(tiles);
+    let mut tiles = Vec::new(case.alloc);
+    for number in case.numbers("numbers").as_slice() {
+        if *number < plan.count() {
+            case.push(&mut tiles, plan.tile(*number));
+        }
+    }
     case.expect_list("window", &sides_of(plan.window));
     case.expect("planned_edge", plan.edge);
     case.expect("columns", plan.columns);
@@ -78,15 +69,6 @@ fn expect_counts(case: &mut Case<'_>, rects: &[Rect], tile: Rect, reach: u32) {
     }
 }
 
-/// Compares which pieces are near a tile, by a look at each, or how many they are.
-fn expect_near(case: &mut Case<'_>, pieces: &[Labelled], tile: Rect, reach: u32) {
-    let found = case.list(near(case.alloc, pieces, tile, reach));
-    case.expect("count", found.len());
-    if case.has("near") {
-        expect_labels(case, "near", found.as_slice());
-    }
-}
-
 /// Which rectangles are near a tile, with labels and without.
 pub fn near_tile(case: &mut Case<'_>) {
     let tile = case.rect("tile");
@@ -98,22 +80,11 @@ pub fn near_tile(case: &mut Case<'_>) {
         Ok(index) if agrees(case, &index, pieces.as_slice(), tile, reach) => {}
         _ => case.note("near", "an index finds others"),
     }
-    expect_near(case, pieces.as_slice(), tile, reach);
-}
-
-/// Compares whether an index finds the pieces near each tile of the plan.
-fn expect_all(
-    case: &mut Case<'_>,
-    index: &NearIndex<Labelled>,
-    pieces: &[Labelled],
-    plan: TilePlan,
-    reach: u32,
-) {
-    let mut agree = true;
-    for number in 0..plan.count() {
-        agree = agrees(case, index, pieces, plan.tile(number), reach) && agree;
+    let found = case.list(near(case.alloc, pieces.as_slice(), tile, reach));
+    case.expect("count", found.len());
+    if case.has("near") {
+        expect_labels(case, "near", found.as_slice());
     }
-    case.expect("agree", agree);
 }
 
 /// What is near each tile of a plan, by a look at each rectangle and by an index.
@@ -123,8 +94,12 @@ pub fn near_all(case: &mut Case<'_>) {
     case.share("rects_of");
     let rects = case.rects("rects");
     let pieces = numbered(case, rects.as_slice());
-    match NearIndex::new(case.alloc, pieces.as_slice()) {
-        Ok(index) => expect_all(case, &index, pieces.as_slice(), plan, reach),
-        Err(_) => case.no_memory(),
+    let Ok(index) = NearIndex::new(case.alloc, pieces.as_slice()) else {
+        return case.no_memory();
+    };
+    let mut agree = true;
+    for number in 0..plan.count() {
+        agree = agrees(case, &index, pieces.as_slice(), plan.tile(number), reach) && agree;
     }
+    case.expect("agree", agree);
 }

@@ -3,9 +3,7 @@ ghost use Rattle.geo_core.specs.Bounds.{IsRadius};
 ghost use Rattle.geo_core.specs.declared.bounds.TheConstants.{GREATEST_SIDE};
 
 use super::text::Text;
-use super::values::{
-    bytes_of, flat_of, number_lists_of, numbers_of, rect_of, rects_of, sides_of, texts_of, whole_of,
-};
+use super::values::{bytes_of, number_at, rect_of, sides_of, whole_of};
 use geo_core::{Cell, GREATEST_SIDE, Rect};
 use std::alloc::Global;
 use std::fmt::{Debug, Display};
@@ -31,9 +29,10 @@ pub struct Case<'a> {
 }
 
 impl<'a> Case<'a> {
-    /// The row of this kind that is this table in the document. Nothing of it is read yet.
-    pub fn new(alloc: Global, kind: &'a str, document: &'a Table, table: &'a Table) -> Case<'a> {
-        Case {
+    /// The row of this kind in the document. Nothing of it is read yet. One that is no table is reported, and has no keys of its own.
+    pub fn new(alloc: Global, kind: &'a str, document: &'a Table, row: &'a Value) -> Case<'a> {
+        let table = row.as_table().unwrap_or(document);
+        let mut case = Case {
             alloc,
             kind,
             document,
@@ -42,7 +41,11 @@ impl<'a> Case<'a> {
             known: Vec::new(alloc),
             wrong: Text::new(alloc),
             has_compared: false,
+        };
+        if !row.is_table() {
+            case.note("given up", "not a table");
         }
+        case
     }
 
     /// Reports what is wrong, and at which key or in what else.
@@ -166,8 +169,14 @@ impl<'a> Case<'a> {
 
     /// The texts of the list at the key.
     pub fn texts(&mut self, key: &'a str) -> Vec<&'a str> {
-        let read = texts_of(self.alloc, self.items(key));
-        self.read(key, read, "not a list of texts", Vec::new(self.alloc))
+        let mut texts = Vec::new(self.alloc);
+        for value in self.items(key) {
+            match value {
+                Value::String(text) => self.push(&mut texts, text.as_str()),
+                _ => self.note(key, "not a list of texts"),
+            }
+        }
+        texts
     }
 
     /// The whole number at the key.
@@ -179,58 +188,120 @@ impl<'a> Case<'a> {
         self.read(key, read, "not a whole number in range", T::default())
     }
 
+    /// The whole numbers that these values at the key are.
+    fn numbers_in<T: TryFrom<i64> + Drop>(&mut self, key: &str, values: &[Value]) -> Vec<T>
+    where
+        T::Error: Drop,
+    {
+        let mut numbers = Vec::new(self.alloc);
+        for value in values {
+            match whole_of(Some(value)) {
+                Some(number) => self.push(&mut numbers, number),
+                None => self.note(key, "not a list of whole numbers in range"),
+            }
+        }
+        numbers
+    }
+
     /// The list of whole numbers at the key.
     pub fn numbers<T: TryFrom<i64> + Drop>(&mut self, key: &'a str) -> Vec<T>
     where
         T::Error: Drop,
     {
-        let read = numbers_of(self.alloc, self.items(key));
-        self.read(
-            key,
-            read,
-            "not a list of whole numbers in range",
-            Vec::new(self.alloc),
-        )
+        let values = self.items(key);
+        self.numbers_in(key, values)
     }
 
     /// The list of lists of whole numbers at the key.
     pub fn number_lists(&mut self, key: &'a str) -> Vec<Vec<i32>> {
-        let read = number_lists_of(self.alloc, self.items(key));
-        self.read(
-            key,
-            read,
-            "not lists of whole numbers in range",
-            Vec::new(self.alloc),
-        )
+        let mut lists = Vec::new(self.alloc);
+        for value in self.items(key) {
+            let numbers = match value {
+                Value::Array(list) => self.numbers_in(key, list.as_slice()),
+                _ => {
+                    self.note(key, "not a list of lists");
+                    Vec::new(self.alloc)
+                }
+            };
+            self.push(&mut lists, numbers);
+        }
+        lists
+    }
+
+    /// The list at this key of an item, which has so many whole numbers. It is empty if the item has no such key.
+    fn listed(&mut self, key: &str, item: &Table, name: &str, width: usize) -> Vec<i32> {
+        match item.get(name) {
+            Some(Value::Array(list)) if list.len() == width => {
+                self.numbers_in(key, list.as_slice())
+            }
+            Some(_) => {
+                self.note(key, "not a list of that many numbers");
+                Vec::new(self.alloc)
+            }
+            None => Vec::new(self.alloc),
+        }
+    }
+
+    /// Appends the lists of numbers that an item stands for.
+    fn add_repeated(&mut self, numbers: &mut Vec<i32>, key: &str, item: &Table, width: usize) {
+        let first = self.listed(key, item, "first", width);
+        let right = self.listed(key, item, "right", width);
+        let up = self.listed(key, item, "up", width);
+        let times = self.listed(key, item, "times", 2);
+        if first.is_empty() || times.is_empty() {
+            self.note(key, "an item without `first` or `times`");
+        }
+        for row in 0..number_at(times.as_slice(), 1) {
+            for column in 0..number_at(times.as_slice(), 0) {
+                for (place, number) in first.as_slice().iter().enumerate() {
+                    let right = number_at(right.as_slice(), place).saturating_mul(column);
+                    let up = number_at(up.as_slice(), place).saturating_mul(row);
+                    self.push(numbers, number.saturating_add(right).saturating_add(up));
+                }
+            }
+        }
     }
 
     /// The numbers of the lists at the key, one after the other, where each list has as many as `width` says. In place of a list may
     /// stand `{ first = [..], times = [c, r], right = [..], up = [..] }` for `c` columns of `r` lists each: `first`, to which `right`
     /// is added once for each column and `up` once for each row.
     pub fn flat(&mut self, key: &'a str, width: usize) -> Vec<i32> {
-        let read = flat_of(self.alloc, self.items(key), width);
-        self.read(
-            key,
-            read,
-            "not lists of that many whole numbers in range",
-            Vec::new(self.alloc),
-        )
+        let mut numbers = Vec::new(self.alloc);
+        for value in self.items(key) {
+            match value {
+                Value::Array(list) if list.len() == width => {
+                    let mut list = self.numbers_in(key, list.as_slice());
+                    self.kept(numbers.append(&mut list));
+                }
+                Value::Table(item) => self.add_repeated(&mut numbers, key, item, width),
+                _ => self.note(key, "not lists of that many numbers"),
+            }
+        }
+        numbers
     }
 
     /// The rectangle at the key, as `[left, bottom, right, top]`.
     pub fn rect(&mut self, key: &'a str) -> Rect {
-        let read = match self.numbers(key).as_slice() {
-            [left, bottom, right, top] => rect_of(*left, *bottom, *right, *top),
-            _ => None,
-        };
+        let read = rect_of(self.numbers(key).as_slice());
         self.read(key, read, "not a rectangle", Rect::new(0, 0, 1, 1))
+    }
+
+    /// The rectangles with these sides, four for each, which stand at the key.
+    pub fn rects_in(&mut self, key: &str, sides: &[i32]) -> Vec<Rect> {
+        let mut rects = Vec::new(self.alloc);
+        for sides in sides.chunks(4) {
+            match rect_of(sides) {
+                Some(rect) => self.push(&mut rects, rect),
+                None => self.note(key, "not a list of rectangles"),
+            }
+        }
+        rects
     }
 
     /// The rectangles at the key, of which many may be written as one, as `flat` says.
     pub fn rects(&mut self, key: &'a str) -> Vec<Rect> {
         let sides = self.flat(key, 4);
-        let read = rects_of(self.alloc, sides.as_slice());
-        self.read(key, read, "not a list of rectangles", Vec::new(self.alloc))
+        self.rects_in(key, sides.as_slice())
     }
 
     /// The bytes at the key, as a text of hexadecimal digits with spaces and newlines.
@@ -290,10 +361,10 @@ impl<'a> Case<'a> {
         }
     }
 
-    /// Compares the answer at the key with the text that came. A text at the key is the answer itself, and any other value is the
-    /// answer as TOML writes it: `50`, `true`, `[1, 2]`.
-    pub fn expect_text(&mut self, key: &'a str, came: &str) {
-        match self.value(key) {
+    /// Compares what is wanted at the key with the text that came. A text is the answer itself, and any other value is the answer as
+    /// TOML writes it: `50`, `true`, `[1, 2]`.
+    fn expect_value(&mut self, key: &str, wanted: Option<&Value>, came: &str) {
+        match wanted {
             Some(Value::String(wanted)) => self.compare(key, wanted.as_str(), came),
             Some(other) => match other.to_string(self.alloc) {
                 Ok(wanted) => self.compare(key, wanted.as_str(), came),
@@ -304,6 +375,12 @@ impl<'a> Case<'a> {
                 self.wrong.say_lines("  + ", came);
             }
         }
+    }
+
+    /// Compares the answer at the key with the text that came. It has to stand in the row itself, and not in a table that it shares.
+    pub fn expect_text(&mut self, key: &'a str, came: &str) {
+        self.know(key);
+        self.expect_value(key, self.table.get(key), came);
     }
 
     /// Compares the answer at the key with the one that came, as that prints itself.
@@ -351,10 +428,13 @@ impl<'a> Case<'a> {
         sides
     }
 
-    /// Compares the rectangles that came, in their order.
+    /// Compares the rectangles that came, in their order. A row whose rectangles come back as they are may share them.
     pub fn expect_rects(&mut self, key: &'a str, came: &[Rect]) {
         let sides = self.sides_of_all(came);
-        self.expect_list(key, sides.as_slice());
+        let mut text = Text::new(self.alloc);
+        text.print(format_args!("{:?}", sides.as_slice()));
+        let wanted = self.value(key);
+        self.expect_value(key, wanted, text.shown());
     }
 
     /// Compares the rectangles that came, from the left.
@@ -364,15 +444,19 @@ impl<'a> Case<'a> {
         self.expect_list(key, sides.as_slice());
     }
 
-    /// Whether the row has a key that was neither read nor compared, nor is its name.
-    fn is_unknown(&self, key: &str) -> bool {
-        key != "name" && !self.known.as_slice().iter().any(|known| *known == key)
+    /// The name of the row, if it has one.
+    pub fn name(&self) -> &str {
+        match self.table.get("name") {
+            Some(Value::String(name)) => name.as_str(),
+            _ => "",
+        }
     }
 
-    /// Ends the check. It reports the keys that were neither read nor compared, or that nothing was.
+    /// Ends the check. It reports the keys but the name that were neither read nor compared, or that nothing was.
     pub fn end(&mut self) {
+        self.know("name");
         for key in self.table.keys() {
-            if self.is_unknown(key.as_str()) {
+            if !self.known.as_slice().contains(&key.as_str()) {
                 self.note(key.as_str(), "unknown key");
             }
         }
@@ -381,7 +465,7 @@ impl<'a> Case<'a> {
         }
     }
 
-    /// What is wrong in the row, line by line.
+    /// What is wrong in the row, line by line. It is empty if the row agrees.
     pub fn wrong(&self) -> &str {
         self.wrong.shown()
     }

@@ -12,12 +12,12 @@ fn rect_of_element(element: &[u8]) -> Option<Rect> {
     let [_, _, _, _, _, left, bottom, _, _, right, top, ..] = numbers else {
         return None;
     };
-    rect_of(
+    rect_of(&[
         i32::from_be_bytes(*left),
         i32::from_be_bytes(*bottom),
         i32::from_be_bytes(*right),
         i32::from_be_bytes(*top),
-    )
+    ])
 }
 
 /// The rectangles of a region file, whose elements begin at 98. What stands behind the last of them is shorter than one.
